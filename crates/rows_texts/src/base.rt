@@ -20,7 +20,7 @@ pub fn base_answer(alloc: Global, made: &mut Answer, bytes: &[u8]) {
 }
 
 /// The first word, and what is after its blank.
-fn split(bytes: &[u8]) -> (&[u8], &[u8]) {
+pub fn split(bytes: &[u8]) -> (&[u8], &[u8]) {
     for i in 0..bytes.len() {
         if bytes[i] == b' ' {
             return (&bytes[..i], &bytes[i + 1..]);

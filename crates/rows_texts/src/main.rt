@@ -1,6 +1,7 @@
-//! Plays rows of the readers of texts, of the catalogue and of waves, and prints those that come out otherwise, with
-//! a count of each file. Its words name the files; the name of a file says who answers its rows. A row is
-//! `TEXT => ANSWER`, as `row` and the module of its answer say. A further row needs no change here.
+//! Plays rows of the readers of texts, of the catalogue, of waves, and of a live board's requests and answers, and prints
+//! those that come out otherwise, with a count of each file. Its words name the files; the name of a file says who
+//! answers its rows. A row is `TEXT => ANSWER`, as `row` and the module of its answer say. A further row needs no change
+//! here.
 #![tactic(auto)]
 
 mod answer;
@@ -9,9 +10,11 @@ mod catalogue;
 mod chip;
 mod diagram;
 mod hex;
+mod line;
 mod project;
 mod reading;
 mod refused;
+mod request;
 mod row;
 mod script;
 mod wave;
@@ -22,8 +25,10 @@ use catalogue::catalogue_answer;
 use chip::chip_answer;
 use diagram::diagram_answer;
 use hex::hex_answer;
+use line::line_answer;
 use project::project_answer;
 use reading::reading_answer;
+use request::request_answer;
 use row::text_of;
 use script::script_answer;
 use sim_base::OutOfMemory;
@@ -95,6 +100,8 @@ fn answer_by_file(alloc: Global, made: &mut Answer, name: &str, text: &[u8], wan
         "waves.rows" => wave_answer(alloc, made, text),
         "readings.rows" => reading_answer(alloc, made, text),
         "catalogue.rows" => catalogue_answer(alloc, made, text),
+        "requests.rows" => request_answer(alloc, made, text),
+        "lines.rows" => line_answer(made, text),
         _ => base_answer(alloc, made, text),
     }
 }

@@ -1,0 +1,3 @@
+mod ConditionLemmas
+mod NumberLemmas
+mod WordLemmas
