@@ -1,0 +1,4 @@
+pub mod Legs
+pub mod Said
+pub mod SentView
+pub mod Talks
