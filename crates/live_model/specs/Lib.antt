@@ -1,0 +1,4 @@
+pub mod Board
+pub mod Standing
+pub mod Leg
+pub mod Talk

@@ -1,0 +1,4 @@
+pub mod WaitLemmas
+pub mod SayLemmas
+pub mod AnswerLemmas
+pub mod StepLemmas

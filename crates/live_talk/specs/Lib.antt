@@ -1,0 +1,4 @@
+pub mod Waiting
+pub mod Legs
+pub mod Says
+pub mod Answers
