@@ -4,7 +4,7 @@ use Rattle.std.specs.Borrow.{Bor}
 use Rattle.std.specs.Option.{option_and_then}
 use Rattle.cli_words_model.specs.Words.{Given, Syntax, Text, texts_of}
 use Rattle.cli_words_model.specs.Request.{Request, bare_syntax, bare_of, check_syntax, check_of, module_syntax, module_of}
-use Rattle.cli_words_model.specs.Request.{run_syntax, run_of, replay_syntax, replay_of, twin_syntax, twin_of}
+use Rattle.cli_words_model.specs.Request.{run_syntax, run_of, serve_syntax, serve_of, replay_syntax, replay_of, twin_syntax, twin_of}
 use Rattle.cli_words_model.specs.Request.{make_syntax, make_of, decode_syntax, decode_of}
 use Rattle.cli_words.specs.declared.request.Command.{Command}
 use Rattle.cli_words.specs.declared.request.Command.TheVariants as commands
@@ -18,6 +18,7 @@ syntax_of commands.Bare = bare_syntax
 syntax_of commands.Check = check_syntax
 syntax_of commands.Module = module_syntax
 syntax_of commands.Run = run_syntax
+syntax_of commands.Serve = serve_syntax
 syntax_of commands.Replay = replay_syntax
 syntax_of commands.Twin = twin_syntax
 syntax_of commands.Make = make_syntax
@@ -28,6 +29,7 @@ request_of_texts commands.Bare = bare_of
 request_of_texts commands.Check = check_of
 request_of_texts commands.Module = module_of
 request_of_texts commands.Run = run_of
+request_of_texts commands.Serve = serve_of
 request_of_texts commands.Replay = replay_of
 request_of_texts commands.Twin = twin_of
 request_of_texts commands.Make = make_of

@@ -2,8 +2,8 @@
 ghost use Rattle.std.specs.Prelude.{◌≡◌, ◌≤◌, ◌<◌, List, Some, length, map, string_bytes, IfOk, IfSome};
 ghost use Rattle.std.specs.Option.{option_map};
 ghost use Rattle.cli_words_model.specs.Words.{Text, Given};
-ghost use Rattle.cli_words_model.specs.Request.{request_of, asked_by, path_of, file_of, named_of, micros_of, budget_of};
-ghost use Rattle.cli_words_model.specs.Request.{bare_of, check_of, module_of, run_of, replay_of, twin_of, make_of, seed_of, decode_of};
+ghost use Rattle.cli_words_model.specs.Request.{request_of, asked_by, path_of, file_of, own_file_of, named_of, micros_of, budget_of};
+ghost use Rattle.cli_words_model.specs.Request.{bare_of, check_of, module_of, run_of, serve_of, replay_of, twin_of, make_of, seed_of, decode_of};
 ghost use Rattle.cli_words_model.specs.Request.{bus_of, uart_of, spi_of, i2c_of, bit_of, mode_of, is_absent, lacks_uart, lacks_spi, lacks_i2c};
 ghost use Rattle.cli_words.specs.Commands.{AreOf};
 ghost use Rattle.cli_words.specs.Asked.{asked_of, bus_by, named_by, IsNamedBus, IsRunTime};
@@ -45,6 +45,9 @@ pub enum Request<'a> {
     /// A run of the project of a folder for so many microseconds, in which each call of a chip may
     /// spend so many units of fuel, with the files that are named.
     Run(&'a str, u32, u32, NamedFiles<'a>),
+    /// A live board of the project of a folder, in which each call of a chip may spend so many units of
+    /// fuel, with the script and the file for its wave that are named.
+    Serve(&'a str, u32, Option<&'a str>, Option<&'a str>),
     /// A run of the project of a folder with a player of what a wave says in place of each chip, for
     /// so many microseconds, with the files that are named.
     Replay(&'a str, &'a str, u32, NamedFiles<'a>),
@@ -64,6 +67,7 @@ enum Command {
     Check,
     Module,
     Run,
+    Serve,
     Replay,
     Twin,
     Make,
@@ -173,6 +177,34 @@ fn run<'a>(matches: &ArgMatches<'a>) -> Option<Request<'a>>
     ) {
         (Some(folder), Some(micros), Some(budget), Some(named)) => {
             Some(Request::Run(folder, micros, budget, named))
+        }
+        _ => None,
+    }
+}
+
+/// A file that may be named, but not `-`: standard input and standard output have another use.
+fn own_file<'a>(matches: &ArgMatches<'a>, name: &str) -> Option<Option<&'a str>>
+    ensures { (given : Given) → AreOf given matches.now → option_map (option_map (λ t. t.now)) result ≡ own_file_of name.now given }
+{
+    match text(matches, name) {
+        Some("-") => None,
+        Some(file) if file.is_empty() => None,
+        named => Some(named),
+    }
+}
+
+fn serve<'a>(matches: &ArgMatches<'a>) -> Option<Request<'a>>
+    ensures asked { (given : Given) → AreOf given matches.now → option_map asked_of result ≡ serve_of given }
+    ensures run_time { IfSome result IsRunTime }
+{
+    match (
+        path(matches, "folder"),
+        budget(matches),
+        own_file(matches, "script"),
+        own_file(matches, "vcd"),
+    ) {
+        (Some(folder), Some(budget), Some(script), Some(wave)) => {
+            Some(Request::Serve(folder, budget, script, wave))
         }
         _ => None,
     }
@@ -353,6 +385,7 @@ fn command_of(word: &str) -> Option<Command>
         "check" => Some(Command::Check),
         "module" => Some(Command::Module),
         "run" => Some(Command::Run),
+        "serve" => Some(Command::Serve),
         "replay" => Some(Command::Replay),
         "twin" => Some(Command::Twin),
         "make" => Some(Command::Make),
@@ -364,6 +397,7 @@ fn command_of(word: &str) -> Option<Command>
 /// What a command has for its positional words, and its options:
 /// `bare HEX --us N`, `check FOLDER`, `module FILE`,
 /// `run FOLDER --us N [--script FILE] [--vcd FILE] [--report FILE] [--budget N]`,
+/// `serve FOLDER [--script FILE] [--vcd FILE] [--budget N]`,
 /// `replay FOLDER WAVE --us N [--script FILE] [--vcd FILE] [--report FILE]`,
 /// `twin FOLDER OTHER --us N [--budget N]`, `make SEED --us N`, and `decode WAVE` with the words of a bus.
 fn syntax_of(command: Command) -> (Names, Names)
@@ -375,6 +409,7 @@ fn syntax_of(command: Command) -> (Names, Names)
         Command::Check => (&["folder"], &[]),
         Command::Module => (&["file"], &[]),
         Command::Run => (&["folder"], &["us", "script", "vcd", "report", "budget"]),
+        Command::Serve => (&["folder"], &["script", "vcd", "budget"]),
         Command::Replay => (&["folder", "wave"], &["us", "script", "vcd", "report"]),
         Command::Twin => (&["folder", "other"], &["us", "budget"]),
         Command::Make => (&["seed"], &["us"]),
@@ -395,6 +430,7 @@ fn request_in<'a>(command: Command, matches: &ArgMatches<'a>) -> Option<Request<
         Command::Check => check(matches),
         Command::Module => module(matches),
         Command::Run => run(matches),
+        Command::Serve => serve(matches),
         Command::Replay => replay(matches),
         Command::Twin => twin(matches),
         Command::Make => make(matches),

@@ -36,6 +36,8 @@ pub data NamedBus : Type 0 where
 -- `Module file`: whether a chip's module is accepted.
 -- `Run folder us budget named`: a run of a project for so many microseconds, in which each call of a chip may spend so many
 -- units of fuel, with the files that are named for it.
+-- `Serve folder budget script wave`: a live board of a project, in which each call of a chip may spend so many units of fuel, with
+-- the script and the file for its wave that are named, each or not.
 -- `Replay folder wave us named`: such a run with a player of what a wave says in place of each chip.
 -- `Twin folder other us budget`: whether the chips of two projects that share all else drive the same in such a run.
 -- `Make seed us`: a run of the board that is generated from a seed, for so many microseconds.
@@ -45,6 +47,7 @@ pub data Request : Type 0 where
   Check : Text → Request
   Module : Text → Request
   Run : Text → ℕ → ℕ → NamedFiles → Request
+  Serve : Text → ℕ → Option Text → Option Text → Request
   Replay : Text → Text → ℕ → NamedFiles → Request
   Twin : Text → Text → ℕ → ℕ → Request
   Make : ℕ → ℕ → Request
@@ -113,6 +116,22 @@ run_syntax = record { words = codes "folder" ∷ []; options = codes "us" ∷ co
 abbrev pub run_of : Given → Option Request
 run_of given =
     option_and_then (λ folder. option_and_then (λ us. option_and_then (λ budget. option_map (Run folder us budget) (named_of given)) (budget_of given)) (micros_of given)) (path_of (codes "folder") given)
+
+-- A file for `serve` has another name than `-`: standard input has its requests, and standard output the answers.
+abbrev pub own_file : Option Text → Option (Option Text)
+own_file None = Some None
+own_file (Some text) = if bytes_eq text (codes "-") then None else named_file (Some text)
+
+abbrev pub own_file_of : Text → Given → Option (Option Text)
+own_file_of name given = own_file (text_of name given)
+
+-- `serve FOLDER` with `--script FILE`, `--vcd FILE` and `--budget N`
+abbrev pub serve_syntax : Syntax
+serve_syntax = record { words = codes "folder" ∷ []; options = codes "script" ∷ codes "vcd" ∷ codes "budget" ∷ [] }
+
+abbrev pub serve_of : Given → Option Request
+serve_of given =
+    option_and_then (λ folder. option_and_then (λ budget. option_and_then (λ script. option_map (Serve folder budget script) (own_file_of (codes "vcd") given)) (own_file_of (codes "script") given)) (budget_of given)) (path_of (codes "folder") given)
 
 -- `replay FOLDER WAVE --us N` with those files
 abbrev pub replay_syntax : Syntax
@@ -205,6 +224,7 @@ asked_by command words =
     else if bytes_eq command (codes "check") then option_and_then check_of (texts_of check_syntax words)
     else if bytes_eq command (codes "module") then option_and_then module_of (texts_of module_syntax words)
     else if bytes_eq command (codes "run") then option_and_then run_of (texts_of run_syntax words)
+    else if bytes_eq command (codes "serve") then option_and_then serve_of (texts_of serve_syntax words)
     else if bytes_eq command (codes "replay") then option_and_then replay_of (texts_of replay_syntax words)
     else if bytes_eq command (codes "twin") then option_and_then twin_of (texts_of twin_syntax words)
     else if bytes_eq command (codes "make") then option_and_then make_of (texts_of make_syntax words)

@@ -1,7 +1,7 @@
 -- What each request is answered with: a line for each command.
 use Rattle.std.specs.Prelude.{ℕ, List, Option, None, Some, Bool, true, false, Result}
 use Rattle.sim_base.specs.Outside.{Files}
-use Rattle.cli_words_model.specs.Request.{NamedBus, NamedFiles, Request, Bare, Check, Module, Run, Replay, Twin, Make, Decode, Uart, Spi, I2c}
+use Rattle.cli_words_model.specs.Request.{NamedBus, NamedFiles, Request, Bare, Check, Module, Run, Serve, Replay, Twin, Make, Decode, Uart, Spi, I2c}
 use Rattle.sim_outcome_model.specs.Stop.{Stop, Texts}
 use Rattle.sim_outcome_model.specs.Happens.{Answer}
 use Rattle.cli_bare.specs.Answer.{BareAnswer}
@@ -10,6 +10,7 @@ use Rattle.cli_module.specs.Answer.{ModuleAnswer}
 use Rattle.board_outputs.specs.Run.{Outputs}
 use Rattle.law_isolation.specs.Isolated.{Fact}
 use Rattle.cli_run.specs.Answer.{RunAnswer, PlayAnswer, AnswerSuch}
+use Rattle.cli_serve.specs.Answer.{ServeAnswer, ServeSuch}
 use Rattle.cli_replay.specs.Answer.{ReplayAnswer, RepeatAnswer}
 use Rattle.cli_twin.specs.Answer.{TwinAnswer}
 use Rattle.cli_make.specs.Answer.{MakeAnswer}
@@ -37,8 +38,9 @@ bus_of (Uart line bit) = buses.Uart bit
 bus_of (Spi clock line mode) = buses.Spi mode
 bus_of (I2c clock line) = buses.I2c
 
--- whether a request is a conversation, which reads requests line by line: none is
+-- whether a request is a conversation, which reads requests line by line
 abbrev pub is_talk : Request → Bool
+is_talk (Serve folder budget script wave) = true
 is_talk request = false
 
 -- how `run` is answered, by its folder, microseconds, script, budget and outputs
@@ -49,28 +51,34 @@ RunBy = List ℕ → ℕ → Option (List ℕ) → ℕ → Outputs → Answer
 abbrev pub ReplayBy : Type 1
 ReplayBy = List ℕ → List ℕ → ℕ → Option (List ℕ) → Outputs → Answer
 
--- the texts, or the first event in the order of the work, where `run` and `replay` are answered so
-abbrev pub AnswersWith : RunBy → ReplayBy → Request → Files → Result Texts Stop → Type 0
-AnswersWith run replay (Bare hex us) = BareAnswer hex us
-AnswersWith run replay (Check folder) = CheckAnswer folder
-AnswersWith run replay (Module name) = ModuleAnswer name
-AnswersWith run replay (Run folder us budget named) = run folder us named.script budget (outputs_to named)
-AnswersWith run replay (Replay folder wave us named) = replay folder wave us named.script (outputs_to named)
-AnswersWith run replay (Twin folder other us budget) = TwinAnswer folder other us budget
-AnswersWith run replay (Make seed us) = MakeAnswer seed us
-AnswersWith run replay (Decode wave bus) = DecodeAnswer wave (first_line bus) (second_line bus) (bus_of bus)
+-- how `serve` is answered, by its folder, budget, script and wave
+abbrev pub ServeBy : Type 1
+ServeBy = List ℕ → ℕ → Option (List ℕ) → Option (List ℕ) → Answer
 
-abbrev pub Answers : Request → Files → Result Texts Stop → Type 0
-Answers = AnswersWith RunAnswer ReplayAnswer
+-- the texts, or the first event in the order of the work, where `run`, `replay` and `serve` are answered so
+abbrev pub AnswersWith : RunBy → ReplayBy → ServeBy → Request → Files → Result Texts Stop → Type 0
+AnswersWith run replay serve (Bare hex us) = BareAnswer hex us
+AnswersWith run replay serve (Check folder) = CheckAnswer folder
+AnswersWith run replay serve (Module name) = ModuleAnswer name
+AnswersWith run replay serve (Run folder us budget named) = run folder us named.script budget (outputs_to named)
+AnswersWith run replay serve (Serve folder budget script wave) = serve folder budget script wave
+AnswersWith run replay serve (Replay folder wave us named) = replay folder wave us named.script (outputs_to named)
+AnswersWith run replay serve (Twin folder other us budget) = TwinAnswer folder other us budget
+AnswersWith run replay serve (Make seed us) = MakeAnswer seed us
+AnswersWith run replay serve (Decode wave bus) = DecodeAnswer wave (first_line bus) (second_line bus) (bus_of bus)
+
+-- by the requests that a conversation reads, where the environment tells them
+abbrev pub Answers : Option (List (List ℕ)) → Request → Files → Result Texts Stop → Type 0
+Answers requests = AnswersWith RunAnswer ReplayAnswer (ServeAnswer requests)
 
 -- the same with players in place of the chips of a run
-abbrev pub PlayAnswers : Request → Files → Result Texts Stop → Type 0
-PlayAnswers = AnswersWith PlayAnswer ReplayAnswer
+abbrev pub PlayAnswers : Option (List (List ℕ)) → Request → Files → Result Texts Stop → Type 0
+PlayAnswers requests = AnswersWith PlayAnswer ReplayAnswer (ServeAnswer requests)
 
--- the same, where this is true of a run
-abbrev pub AnswersSuch : Fact → Request → Files → Result Texts Stop → Type 0
-AnswersSuch IsSo = AnswersWith (AnswerSuch IsSo) ReplayAnswer
+-- the same, where this is true of a run, and of that of a conversation
+abbrev pub AnswersSuch : Fact → Option (List (List ℕ)) → Request → Files → Result Texts Stop → Type 0
+AnswersSuch IsSo requests = AnswersWith (AnswerSuch IsSo) ReplayAnswer (ServeSuch IsSo requests)
 
 -- the same, where a replay of the wave that a run wrote has the texts of that run
-abbrev pub RepeatAnswers : Request → Files → Result Texts Stop → Type 0
-RepeatAnswers = AnswersWith RunAnswer RepeatAnswer
+abbrev pub RepeatAnswers : Option (List (List ℕ)) → Request → Files → Result Texts Stop → Type 0
+RepeatAnswers requests = AnswersWith RunAnswer RepeatAnswer (ServeAnswer requests)

@@ -5,7 +5,7 @@ ghost use Rattle.sim_outcome_model.specs.Happens.{Ends};
 ghost use Rattle.sim_outcome_model.specs.Promises.{WordsAlone, HasCause, IsStatus};
 ghost use Rattle.sim_outcome_model.specs.Work.{SaidNothing};
 ghost use Rattle.sim_cli.specs.Promises.{Happens, HappensIsolated, HappensRepeated, Counts, CountsNone, Does};
-ghost use Rattle.sim_cli.specs.Promises.{IsAnswered, IsComplete, HoldsAnswer, IsStopped, IsTrueStop, HoldsFront, ComplainsAlone, CountsWakes};
+ghost use Rattle.sim_cli.specs.Promises.{IsAnswered, IsComplete, HoldsAnswer, IsStopped, IsTrueStop, HoldsFront, ComplainsAlone, IsBrokenOff, CountsWakes};
 ghost use Rattle.sim_cli.specs.Promises.{HoldsPlay, HoldsAlone, HoldsWorlds, HoldsShown, HoldsRepeat};
 ghost use Rattle.sim_io.specs.Outcomes.{outcome_of};
 ghost use Rattle.cli_words.specs.Asked.{bus_by, named_by, IsNamedBus};
@@ -20,6 +20,7 @@ use cli_module::check_module;
 use cli_project::{ScriptedProject, check};
 use cli_replay::replay;
 use cli_run::run;
+use cli_serve::serve;
 use cli_twin::twin;
 use cli_words::{NamedBus, NamedFiles, Request, read_words};
 use sim_base::{Bench, Steps};
@@ -42,7 +43,7 @@ fn outputs_to(named: NamedFiles<'_>) -> Outputs<'_>
 /// The frames on a bus, read from a wave.
 fn decode_bus<B: Bench>(alloc: Global, wave: &str, bus: NamedBus<'_>, bench: &mut B) -> WorkEnd
     requires { IsNamedBus bus }
-    ensures ends { Ends (Answers (Decode wave.now (bus_by bus.entry))) (outcome_of result) (B.outside bench.old) (B.outside bench.new) }
+    ensures ends { Ends (Answers (B.outside bench.old).requests (Decode wave.now (bus_by bus.entry))) (outcome_of result) (B.outside bench.old) (B.outside bench.new) }
     ensures silent { SaidNothing (B.outside bench.old) (B.outside bench.new) }
 {
     match bus {
@@ -80,6 +81,10 @@ fn work<B: Bench, L: Ledger>(
             };
             let outputs = outputs_to(named);
             run(alloc, scripted, micros, budget, outputs, bench, steps)
+        }
+        Ok(Some(Request::Serve(folder, budget, script, wave))) => {
+            let scripted = ScriptedProject { folder, script };
+            serve(alloc, scripted, budget, wave, bench, steps)
         }
         Ok(Some(Request::Replay(folder, wave, micros, named))) => {
             let scripted = ScriptedProject {
@@ -124,9 +129,10 @@ pub fn simulate<B: Bench, L: Ledger>(
     ensures steps { CountsWakes result (request_of (map string_bytes words.now)) (B.outside bench.old) steps.old steps.new }
     ensures boardless { CountsNone (request_of (map string_bytes words.now)) steps.old steps.new }
     ensures silent { ComplainsAlone result (request_of (map string_bytes words.now)) (B.outside bench.old) (B.outside bench.new) }
+    ensures broken_off { IsBrokenOff result (request_of (map string_bytes words.now)) (B.outside bench.old) (B.outside bench.new) }
 
-    // And of a run, whatever its chips do: players may stand for them, each drives by its own pins alone,
-    // and what they are made of is seen through their drives alone.
+    // And of a run, whatever its chips do: players may stand for them. Of a conversation too: each drives by its own pins alone, and
+    // what they are made of is seen through their drives alone.
     ensures played { HoldsPlay result (request_of (map string_bytes words.now)) (B.outside bench.old) (B.outside bench.new) }
     ensures alone { HoldsAlone result (request_of (map string_bytes words.now)) (B.outside bench.old) (B.outside bench.new) }
     ensures worlds { HoldsWorlds result (request_of (map string_bytes words.now)) (B.outside bench.old) (B.outside bench.new) }

@@ -37,7 +37,11 @@ impl Ended {
             row.is_report_begun,
         ) {
             Some("report")
-        } else if self.bench.written(Port::Serial) != row.serial.as_slice() {
+        } else if !is_as(
+            self.bench.written(Port::Serial),
+            &row.serial,
+            row.is_serial_begun,
+        ) {
             Some("serial")
         } else if !is_as(self.bench.written(Port::Wave), &row.wave, row.is_wave_begun) {
             Some("wave")
@@ -123,7 +127,7 @@ fn there<'a>(file: &'a StagedFile, row: &Row, number: u32) -> &'a [u8] {
     }
 }
 
-/// Adds the files of a row and the room of each port, and which call fails.
+/// Adds the files and the requests of a row and the room of each port, and which call fails.
 fn fill_bench(
     bench: &mut MemBench,
     stage: &Stage,
@@ -132,6 +136,9 @@ fn fill_bench(
 ) -> Result<(), OutOfMemory> {
     for file in stage.files() {
         bench.add_file(file.name.as_str(), there(file, row, number))?;
+    }
+    for request in row.requests.as_slice() {
+        bench.add_request(request.as_bytes())?;
     }
     bench.room(Port::Serial, SERIAL_ROOM)?;
     bench.room(Port::Wave, row.room)?;

@@ -16,6 +16,7 @@ struct Refused {
 #[derive(Drop)]
 pub struct Row {
     pub words: Vec<String>,
+    pub requests: Vec<String>,
     pub cut: String,
     refused: Vec<Refused>,
     pub first: u32,
@@ -23,6 +24,7 @@ pub struct Row {
     pub room: u32,
     pub status: u8,
     pub serial: Vec<u8>,
+    pub is_serial_begun: bool,
     pub wave: Vec<u8>,
     pub is_wave_begun: bool,
     pub opened: String,
@@ -37,6 +39,7 @@ impl Row {
     fn new(alloc: Global) -> Row {
         Row {
             words: Vec::new(alloc),
+            requests: Vec::new(alloc),
             cut: String::new(alloc),
             refused: Vec::new(alloc),
             first: 0,
@@ -44,6 +47,7 @@ impl Row {
             room: 100_000,
             status: 0,
             serial: Vec::new(alloc),
+            is_serial_begun: false,
             wave: Vec::new(alloc),
             is_wave_begun: false,
             opened: String::new(alloc),
@@ -129,6 +133,7 @@ impl Row {
     }
 
     /// - `run WORDS`, `word WORD`: the words of the command line; `word` has the rest of its line as one
+    /// - `asks REQUEST`: one more request, the rest of the line
     /// - `fails N`, `fails N M`: the call of the environment that fails, in a run for each
     /// - `cut NAME N M`: only so many bytes of the file are there, in a run for each
     /// - `refused N M TEXT`: in these runs the file that is cut is refused with this text, at whose end ` k` is the
@@ -143,6 +148,10 @@ impl Row {
         match *key {
             "run" => self.add_words(alloc, rest)?,
             "word" => self.add_words(alloc, &[behind(line, "word ")])?,
+            "asks" => {
+                let request = String::from_str(alloc, behind(line, "asks "))?;
+                self.requests.push(request)?;
+            }
             "fails" => return Ok(self.read_span(rest)),
             "cut" => return self.read_cut(rest),
             "refused" => return self.read_refused(alloc, rest),
@@ -155,6 +164,7 @@ impl Row {
 
     /// - `complains TEXT`, `reports TEXT`: a line
     /// - `report begins`: any first part of these lines
+    /// - `says TEXT`: a line of Serial; `serial begins`: any first part of these lines
     /// - `wave DATA`, `wave DATA N`: the bytes of `data/DATA`, or so many of them
     /// - `begins DATA`: any first part of these bytes
     /// - `serial DATA`: these bytes
@@ -166,6 +176,7 @@ impl Row {
         match *key {
             "complains" => add_line(&mut self.complaint, behind(line, "complains "))?,
             "reports" => add_line(&mut self.report, behind(line, "reports "))?,
+            "says" => add_line(&mut self.serial, behind(line, "says "))?,
             "report" => return Ok(self.read_report(rest)),
             "wave" => return self.read_wave(rt, rest),
             _ => return self.read_one(rt, key, rest),
@@ -202,6 +213,7 @@ impl Row {
                 self.wave = fs::read(rt, *word)?;
                 self.is_wave_begun = true;
             }
+            "serial" if *word == "begins" => self.is_serial_begun = true,
             "serial" => self.serial = fs::read(rt, *word)?,
             "opens" => self.opened.push_str(word)?,
             _ => return Ok(false),

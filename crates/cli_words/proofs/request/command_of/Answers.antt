@@ -15,5 +15,5 @@ returns-in_default c = λ given.
     let word : Text = c.args.word.now in
     let is = c.in_default in
     another word (codes "bare") _ _ is.not-bare ∙ another word (codes "check") _ _ is.not-check ∙ another word (codes "module") _ _ is.not-module
-    ∙ another word (codes "run") _ _ is.not-run ∙ another word (codes "replay") _ _ is.not-replay ∙ another word (codes "twin") _ _ is.not-twin
+    ∙ another word (codes "run") _ _ is.not-run ∙ another word (codes "serve") _ _ is.not-serve ∙ another word (codes "replay") _ _ is.not-replay ∙ another word (codes "twin") _ _ is.not-twin
     ∙ another word (codes "make") _ _ is.not-make ∙ another word (codes "decode") _ _ is.not-decode

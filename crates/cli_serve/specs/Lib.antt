@@ -1,0 +1,4 @@
+pub mod Answer
+pub mod AtLaws
+pub mod Conversed
+pub mod Replies
