@@ -74,7 +74,7 @@ printf 'commit %s\nkit %s\nsources %s\nglibc %s\n' "$commit" "$kit" "$sum" "$lib
 name=mudflatjar-$(git log -1 --format=%cd --date=format:%Y%m%d)-$(git rev-parse --short=7 HEAD)-linux-x86_64
 at=$work/$name
 mkdir -p "$at/share/man/man1" "$at/share/completions" target/release || exit 1
-git ls-files -z -- mudflatjar README.md docs sdk examples tools/script tools/setup.sh tools/look tools/wokwi tools/scenario.py tools/run-tests tools/truth.py tools/display.py | xargs -0 sh -c 'at=$0; for it in "$@"; do mkdir -p "$at/$(dirname "$it")" && cp "$it" "$at/$it" || exit 255; done' "$at" || exit 1
+git ls-files -z -- mudflatjar README.md docs sdk examples tools/script tools/setup.sh tools/look tools/wokwi python/mudflatjar python/mudflatjar-1.0.dist-info tools/scenario.py tools/run-tests tools/truth.py tools/display.py | xargs -0 sh -c 'at=$0; for it in "$@"; do mkdir -p "$at/$(dirname "$it")" && cp "$it" "$at/$it" || exit 255; done' "$at" || exit 1
 cp -R dist "$at" || exit 1
 for form in bash zsh fish; do "$at/mudflatjar" completion $form >"$at/share/completions/mudflatjar.$form" || exit 1; done
 "$at/mudflatjar" completion man >"$at/share/man/man1/mudflatjar.1" || exit 1

@@ -33,6 +33,10 @@ tests nodejs node
 tests binaryen wasm-opt
 tests shellcheck shellcheck
 tests xz-utils xz
+tests python3-pytest /usr/lib/python3/dist-packages/pytest
+tests python3-pytest-xdist /usr/lib/python3/dist-packages/xdist
+tests mypy mypy
+tests black black
 chips clang clang
 chips lld wasm-ld
 chips wabt wat2wasm

@@ -19,7 +19,7 @@ import sys
 import tempfile
 
 TOP = pathlib.Path(__file__).resolve().parents[2]
-TOOLS = "cd clang cp gtkwave mv node pulseview rustc sigrok-cli wat2wasm".split()
+TOOLS = "cd clang cp gtkwave mv node pulseview pytest-3 rustc sigrok-cli wat2wasm".split()
 # a command within a sentence; `./mudflatjar look` alone is only a name
 INLINE = re.compile(r"`((?:\./mudflatjar|(?:tools|examples|sdk|bench)/[\w./-]+) [^`]+)`")
 GLOBAL = ("--try", "--built", "--released")
