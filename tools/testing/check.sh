@@ -30,8 +30,10 @@ chmod +x "$work/reader/mudflatjar/mudflatjar" "$work/bin/sudo"
 export MUDFLATJAR="$program" XDG_CACHE_HOME="$work/cache"
 unset PROGRAM
 
-# a file for each block of the page
+# a file for each block of the page; a test in Python between fences is run by python/check.sh
 awk -v folder="$work/blocks" '
+    /^```/ { fenced = !fenced; on = 0; blanks = ""; next }
+    fenced { next }
     /^    / { if (!on) { on = 1; name = sprintf("%s/%02d", folder, ++count) } print blanks substr($0, 5) >name; blanks = ""; next }
     on && !NF { blanks = blanks "\n"; next }
     { on = 0; blanks = "" }' "$page"
