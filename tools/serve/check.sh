@@ -1,8 +1,9 @@
 #!/bin/sh
 # `serve` on the real system: requests that come together or one by one, from a file, a pipe and an empty input; lines of every
 # length, with CR and bytes that are no text; an input that cannot be read, answers and waves that cannot be written; and random
-# live boards of the examples against runs of their scripts (tools/peers/live_boards.py; `--count N` of each example, 2 if it is
-# not said). PROGRAM is the program to try, target/mudflatjar if it is not set. Ends with 1 where one answers otherwise.
+# live boards of the examples against runs of their scripts, past 10 s and up to the end of a board's time too
+# (tools/peers/live_boards.py; `--count N` of each, 2 if it is not said). PROGRAM is the program to try, target/mudflatjar if it is
+# not set. Ends with 1 where one answers otherwise.
 here=$(cd "$(dirname "$0")" && pwd)
 program=${PROGRAM:-$here/../../target/mudflatjar}
 examples=$here/../../examples
@@ -110,5 +111,5 @@ set --
 for it in "$examples"/*/; do
     if [ -f "$it/diagram.json" ] && [ -f "$it/wokwi.toml" ]; then set -- "$@" "$it"; fi
 done
-python3 -B "$here/../peers/live_boards.py" --count "$count" "$program" "$@" || bad=1
+python3 -B "$here/../peers/live_boards.py" --count "$count" --far "$examples/low-power" "$program" "$@" || bad=1
 exit $bad
