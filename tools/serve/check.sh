@@ -93,7 +93,8 @@ if [ -c /dev/full ]; then
     status=$?
     : >"$folder/out"
     ends "answers on a full device" 6
-    expect "$greeting" 'ok 160000 0 0'
+    # the head of the wave is written in the first cycle, before the answer
+    expect "$greeting"
     echo "write failed" >"$folder/complained"
     echo 'run 160000' | serve --vcd /dev/full
     ends "a wave on a full device" 6
