@@ -17,8 +17,8 @@ def folder_of(name):
 
 
 def names():
-    """Each example that has a diagram, those that have none above too."""
-    return sorted(name for name in os.listdir(FOLDER) if os.path.exists(os.path.join(FOLDER, name, "diagram.json")))
+    """Each example that has a diagram and a firmware, those that have no time above too."""
+    return sorted(name for name in os.listdir(FOLDER) if all(os.path.exists(os.path.join(FOLDER, name, file)) for file in ("diagram.json", "wokwi.toml")))
 
 
 def microseconds(name):
