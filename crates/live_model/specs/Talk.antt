@@ -119,6 +119,6 @@ talk b lacks s (line ∷ lines) =
     let x = reply b s (first_lacks lacks) line in
     if is_quit (asked line) then (standing_after s x, text_of s.cycle x)
     else (
-      let more = talk b (rest_lacks lacks) (standing_after s x) lines in
-      (more.0, text_of s.cycle x ++ more.1)
+    let more = talk b (rest_lacks lacks) (standing_after s x) lines in
+    (more.0, text_of s.cycle x ++ more.1)
     )
